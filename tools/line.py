@@ -12,7 +12,17 @@ import threading
 import time
 
 
-class Figures:
+class Hearer:
+    """Somebody who hears what goes over a line, before it is handed on."""
+
+    def to_device(self, data):
+        pass
+
+    def to_host(self, data):
+        pass
+
+
+class Figures(Hearer):
     """What went over the line: bytes out (host to device), bytes in, and turns, which are how often the host, having sent
     something, was answered. The processor time is the host's own, as the system counts it; the time by the clock is since here."""
 
@@ -20,12 +30,12 @@ class Figures:
         self.began, self.asked = time.monotonic(), False
         self.out = self.into = self.turns = 0
 
-    def sent(self, count):
-        self.out += count
+    def to_device(self, data):
+        self.out += len(data)
         self.asked = True
 
-    def answered(self, count):
-        self.into += count
+    def to_host(self, data):
+        self.into += len(data)
         self.turns += self.asked
         self.asked = False
 
@@ -36,19 +46,7 @@ class Figures:
             json.dump(figures, told)
 
 
-class Plain:
-    """Hands every byte on as it is."""
-
-    def to_device(self, data):
-        """What the device is to get of the host's bytes, and what the host is answered for them without it."""
-        return data, b""
-
-    def to_host(self, data):
-        """What the host is to get of the device's bytes."""
-        return data
-
-
-class Paced(Plain):
+class Paced(Hearer):
     """Takes as long as a line of this speed does, with 11 bits a byte, and holds what the device sends back so many seconds more, as adapters do."""
 
     def __init__(self, baud, hold=0):
@@ -56,11 +54,9 @@ class Paced(Plain):
 
     def to_device(self, data):
         time.sleep(len(data) * self.each)
-        return data, b""
 
     def to_host(self, data):
         time.sleep(len(data) * self.each + self.hold)
-        return data
 
 
 def connect(path):
@@ -109,27 +105,18 @@ def send(descriptor, data):
     return True
 
 
-def carry(host, device, ended=None, figures=None, between=None, cut=None):
+def carry(host, device, *hearers, ended=None, cut=None):
     """Carries bytes between the descriptors of a host and a device, until one of them is gone, or `ended` (a descriptor)
     has something to read, or `cut` bytes of the host were handed on."""
-    between, figures = between or Plain(), figures or Figures()
-    while True:
+    while cut != 0:
         ready, _, _ = select.select([it for it in (host, device, ended) if it is not None], [], [])
         # the device first, so that its bytes are counted for what they answer
         came = receive(device) if device in ready else receive(host)[:cut] if host in ready else b""
         if not came:
             return
-        if device in ready:
-            answer = between.to_host(came)
-        else:
-            cut = None if cut is None else cut - len(came)
-            figures.sent(len(came))
-            data, answer = between.to_device(came)
-            if not send(device, data):
-                return
-        if answer:
-            figures.answered(len(answer))
-            if not send(host, answer):
-                return
-        if cut == 0:
+        for it in hearers:
+            (it.to_host if device in ready else it.to_device)(came)
+        if not send(host if device in ready else device, came):
             return
+        if cut is not None and device not in ready:
+            cut -= len(came)
