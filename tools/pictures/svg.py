@@ -39,14 +39,12 @@ class Picture:
         self.parts.append(f'<text class="{kind}" x="{x:g}" y="{y:g}" font-size="{size:g}"{more}>{escape(words)}</text>')
 
     def runs(self, x, y, runs, size=13):
-        """Texts of several kinds one after the other on a line; answers where it ends."""
+        """Texts of several kinds one after the other on a line."""
         spans = "".join(f'<tspan class="{kind}">{escape(words)}</tspan>' for words, kind in runs)
         self.parts.append(f'<text x="{x:g}" y="{y:g}" font-size="{size:g}">{spans}</text>')
-        return x + sum(len(words) for words, _ in runs) * size * ADVANCE
 
-    def line(self, x, y, to_x, to_y, kind="rule", width=1, dash=None):
-        more = f' stroke-dasharray="{dash}"' if dash else ""
-        self.parts.append(f'<path class="s-{kind}" d="M{x:g} {y:g}L{to_x:g} {to_y:g}" stroke-width="{width:g}"{more}/>')
+    def line(self, x, y, to_x, to_y, kind="rule", width=1):
+        self.parts.append(f'<path class="s-{kind}" d="M{x:g} {y:g}L{to_x:g} {to_y:g}" stroke-width="{width:g}"/>')
 
     def dot(self, x, y, kind, radius=4):
         self.parts.append(f'<circle class="{kind}" cx="{x:g}" cy="{y:g}" r="{radius:g}"/>')
