@@ -8,7 +8,6 @@ with commas. --jobs is how many stories are played at a time.
 
 import collections
 import functools
-import itertools
 import multiprocessing
 import os
 import pathlib
@@ -289,8 +288,6 @@ def main():
     if given.story is not None:
         return play_all(map(one, [given.story]), 0)
     print("tools/soak: seed %s" % given.seed, flush=True)
-    if given.jobs == 1:
-        return play_all(map(one, itertools.count()), given.sessions)
     with multiprocessing.Pool(given.jobs) as pool:
         # more stories than are needed: each has 3 uses at least
         return play_all(pool.imap(one, range(given.sessions)), given.sessions)
