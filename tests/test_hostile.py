@@ -76,13 +76,6 @@ class Came(typing.NamedTuple):
     flash_after: bytes
 
 
-def pairs():
-    """Each kind of board with its command, or with each."""
-    for kind in KINDS:
-        for command in COMMANDS if os.environ.get("STMFLASH_LONG") == "1" else (KINDS[kind].command,):
-            yield kind, command
-
-
 class Hostile(Place):
     def at(self, folder, serve, words, wait=LONG_WAIT):
         """Runs the program at a board that is served so: what it said, when it ended, and its line. A wait of none is the default."""
@@ -122,7 +115,9 @@ class Hostile(Place):
         return Came(said, ended - since, journal, read, board, after, bytes(well.flash))
 
     def test_each_ends_in_time(self):
-        self.assertAllEnd(pairs(), False)
+        """Each kind of board with its command, or with each."""
+        is_long = os.environ.get("STMFLASH_LONG") == "1"
+        self.assertAllEnd(((name, command) for name, kind in KINDS.items() for command in (COMMANDS if is_long else (kind.command,))), False)
 
     def test_each_ends_in_time_at_the_default_wait(self):
         self.assertAllEnd(((kind, command) for kind in AT_DEFAULT for command in COMMANDS), True)

@@ -1,17 +1,18 @@
-"""Whose a journal or an OUT is (tests/owners.rows), also where another plants one meanwhile."""
+"""Whose a journal or an OUT is (tests/owners.rows)."""
 
 import os
 import shutil
 
 import place
-from place import COUNTING, WAIT, ZEROS, files
-from rows import Rows, cases
+from holding import Held
+from place import ZEROS, files
+from rows import cases
 
 OTHER = 4242
 JOURNAL = b"stmjournal 2 0412\nopen 1\nend 1\n"
 
 
-class Owners(Rows):
+class Owners(Held):
     def setUp(self):
         if os.geteuid() != 0:
             self.skipTest("only root may give a file away")
@@ -59,27 +60,3 @@ class Owners(Rows):
                 else:
                     self.assertEqual(said.status, 0, said)
                 self.remove("journal")
-
-    def test_a_place_that_is_planted_meanwhile(self):
-        """Another makes a link where the journal or OUT is to be, once the session has begun: no file is made behind it."""
-        os.mkdir(self.path("victim"))
-        for place, name, *words in (("folder/journal", "erase", "5"), ("folder/out", "read", "folder/out")):
-            with self.subTest(place=place):
-                shutil.rmtree(self.path("folder"), ignore_errors=True)
-                os.mkdir(self.path("folder"))
-                os.chmod(self.path("folder"), 0o1777)
-                self.store("flash", COUNTING)
-                self.serve(1)
-
-                def plant(replies):
-                    if not self.is_there(place):
-                        os.symlink("../victim/file", self.path(place))
-                        os.lchown(self.path(place), OTHER, OTHER)
-                    return replies
-
-                with self.between(plant):
-                    said = self.use(name, "--wait", WAIT, *words, device="stand", journal="folder/journal")
-                self.assertFault(said, f"{place} is a link of user {OTHER}: name what it leads to, or --trust-journal")
-                self.assertEqual(os.listdir(self.path("victim")), [])
-                self.assertFile("flash", COUNTING)
-                self.assertServed()

@@ -138,11 +138,6 @@ class Socket(Peers):
         self.assertEqual((said.status, said.out, said.err, len(waits), clients[0].recv(2)), (0, b"", b"", 2, b"\x79"))
         self.assertFiles({"flash": ZEROS, "flash.line": b"idle\n"})
 
-    def memory(self, process):
-        """How many KiB of memory a process has, counted page by page."""
-        with open(f"/proc/{process.pid}/smaps_rollup") as told:
-            return next(int(line.split()[1]) for line in told if line.startswith("Rss:"))
-
     def test_serving_takes_no_more_and_more_memory(self):
         """What the first bytes of a client have taken is enough for the megabyte behind them."""
         self.serve(1)
@@ -152,7 +147,9 @@ class Socket(Peers):
         for _ in range(10):
             for _ in range(200):
                 self.assertReplies(client, b"\x02\xfd" * 256, ID * 256)
-            taken.append(self.memory(self.simulator))
+            # in KiB, counted page by page
+            with open(f"/proc/{self.simulator.pid}/smaps_rollup") as told:
+                taken.append(next(int(line.split()[1]) for line in told if line.startswith("Rss:")))
         self.assertServed(client)
         self.assertLess(taken[-1] - taken[1], 512, taken)
 

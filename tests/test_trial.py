@@ -79,8 +79,7 @@ def planted(folder, name, *words):
                 time.sleep(0.01)
             yield board
         finally:
-            if board.poll() is None:
-                board.kill()
+            board.kill()
 
 
 def program_rows():
