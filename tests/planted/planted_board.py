@@ -184,6 +184,9 @@ class PlantedBoard(Device):
         if self.sets["overrun"] and less >= self.sets["overrun"]:
             self.is_dead = len(rest) == 2 + width + 2 * self.sets["overrun"]
             return OPEN
+        # (the check of a long list takes long, in each byte's turn)
+        if super().judge_erase(rest) == OPEN:
+            return OPEN
         # whatever its check is
         said = super().judge_erase(rest[:-1] + bytes([fold(rest[2:-1])]))
         is_good = not fold(rest[2:]) or self.sets["any_check"]
